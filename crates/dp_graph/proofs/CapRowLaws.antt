@@ -1,11 +1,11 @@
 -- Caps with numbers, one after another, and the rows of the left sides that they meet.
-use Rattle.std.specs.Prelude.{◌≡◌, ◌<◌, ◌≤◌, ◌↔◌, ◌⊎◌, ℕ, ◌+◌, ◌++◌, ◌==◌, Bool, true, false, not, List, [], ◌∷◌, length, take, get_or, All, Option, Some, None, IfSome, IsTrue, Result, Ok, Err, IfOk, OnOk, Vec, slice_get, slice_set, slice_index, refl}
+use Rattle.std.specs.Prelude.{◌≡◌, ◌<◌, ◌≤◌, ◌↔◌, ◌⊎◌, ℕ, ◌+◌, ◌-◌, ◌++◌, ◌==◌, Bool, true, false, not, List, [], ◌∷◌, length, take, drop, get_or, All, Option, Some, None, IfSome, IsTrue, Result, Ok, Err, IfOk, OnOk, Vec, slice_get, slice_set, slice_index, refl}
 use Rattle.std.specs.declared.alloc.Global.{Global}
 use Rattle.std.specs.Ordering.{nat_cmp}
 use Rattle.std.specs.BTreeMap.{get, is_at}
 use Rattle.std.specs.Map.{lookup}
-use Rattle.std.proofs.Common.{inl, inr, sym, ap, ap₂, subst, arith, ◌∙◌, append_assoc, length-append}
-use Rattle.std.proofs.lemmas.List.{append-nil, take_all, take_more}
+use Rattle.std.proofs.Common.{inl, inr, sym, ap, ap₂, subst, arith, ◌∙◌, append_assoc, length-append, length-drop}
+use Rattle.std.proofs.lemmas.List.{append-nil, take_all, take_more, drop_at}
 use Rattle.std.proofs.lemmas.List.Elements.{All-more}
 use Rattle.std.proofs.lemmas.Bool.Decides.{Decides-eqb}
 use Rattle.std.proofs.lemmas.Option.{same_Some, slice_get_within}
@@ -184,6 +184,12 @@ last_numbered : (all : List HoledTree) (items : List Cap) (cap : Cap) (ns : List
     → HaveNumbers all (holed_all (items ++ cap ∷ [])) (ns ++ n ∷ [])
 last_numbered all [] cap ns n no_numbers at = one_number at no_numbers
 last_numbered all (i ∷ items) cap ns n (one_number {ns = ms} there rest) at = one_number there (last_numbered all items cap ms n rest at)
+
+-- the key behind the words that stay
+pub key_behind : (before words key : List ℕ) (n : ℕ) → n ≡ length before → words ≡ before ++ key → take (length words - n) (drop n words) ≡ key
+key_behind before words key n is behind =
+    let dropped : drop n words ≡ key = ap (drop n) behind ∙ drop_at before key n (sym is) in
+    take_all (length words - n) (drop n words) (omega (arith, length-drop n words)) ∙ dropped
 
 -- ---- ends
 
@@ -375,23 +381,23 @@ module _ (rules : List RewriteRule) (lefts : List (Option ℕ)) where
     pub numbered : HaveNumbers all cs numbers
     pub ended : AddsEndsIn rules ts begun ends all
 
-  pub no_parts : (table : CapRows) (all : List HoledTree) (f : ℕ) (args : List Term) (items : List Cap) (start key : List ℕ) (begun : List End) → AreCaps rules lefts table all → items ≡ [] → start ≡ [] → key ≡ start ++ f ∷ []
-      → CapsSoFar table all f (forest (take 0 args)) (holed_all items) key begun begun
-  no_parts table all f args items start key begun are empty none pushed = record {
+  pub no_parts : (table : CapRows) (all : List HoledTree) (f : ℕ) (args : List Term) (items : List Cap) (begun : List End) → AreCaps rules lefts table all → items ≡ []
+      → CapsSoFar table all f (forest (take 0 args)) (holed_all items) (f ∷ []) begun begun
+  no_parts table all f args items begun are empty = record {
     all = all;
     keeps = λ n c h. h;
     are = are;
     each = subst (λ z. AreHoledCaps rules false (forest (take 0 args)) (holed_all z)) (sym empty) no_holed;
     numbers = [];
-    key_is = pushed ∙ ap (λ z. z ++ f ∷ []) none;
+    key_is = refl;
     numbered = subst (λ z. HaveNumbers all (holed_all z) []) (sym empty) no_numbers;
     ended = ([], sym (append-nil begun), no_ends);
   }
 
-  pub one_more_part : (old new : CapRows) (first : List HoledTree) (f : ℕ) (args : List Term) (items items2 : List Cap) (key key2 : List ℕ) (begun ends ends2 : List End) (k : ℕ) (arg : Term) (found : NumberedCap)
-      → k < length args → arg ≡ get_or args k arg → items2 ≡ items ++ found.cap ∷ [] → key2 ≡ key ++ found.number ∷ [] → (so_far : CapsSoFar old first f (forest (take k args)) (holed_all items) key begun ends)
-      → AreMore rules lefts new so_far.all (IsCapped rules (tree arg) found ends ends2) → CapsSoFar new first f (forest (take (k + 1) args)) (holed_all items2) key2 begun ends2
-  one_more_part old new first f args items items2 key key2 begun ends ends2 k arg found lt is pushed written so_far (all, keeps, are, capped) =
+  pub one_more_part : (old new : CapRows) (first : List HoledTree) (f : ℕ) (args : List Term) (items items2 : List Cap) (key : List ℕ) (begun ends ends2 : List End) (k : ℕ) (arg : Term) (found : NumberedCap)
+      → k < length args → arg ≡ get_or args k arg → items2 ≡ items ++ found.cap ∷ [] → (so_far : CapsSoFar old first f (forest (take k args)) (holed_all items) key begun ends)
+      → AreMore rules lefts new so_far.all (IsCapped rules (tree arg) found ends ends2) → CapsSoFar new first f (forest (take (k + 1) args)) (holed_all items2) (key ++ found.number ∷ []) begun ends2
+  one_more_part old new first f args items items2 key begun ends ends2 k arg found lt is pushed so_far (all, keeps, are, capped) =
       let numbered = capped.numbered in
       record {
         all = all;
@@ -399,7 +405,7 @@ module _ (rules : List RewriteRule) (lefts : List (Option ℕ)) where
         are = are;
         each = next_cap rules false args items items2 k arg found.cap lt is pushed so_far.each numbered.cap;
         numbers = so_far.numbers ++ found.number ∷ [];
-        key_is = written ∙ ap (λ z. z ++ found.number ∷ []) so_far.key_is;
+        key_is = ap (λ z. z ++ found.number ∷ []) so_far.key_is;
         numbered = subst (λ z. HaveNumbers all (holed_all z) (so_far.numbers ++ found.number ∷ [])) (sym pushed)
             (last_numbered all items found.cap so_far.numbers found.number (still_numbered keeps so_far.numbered) numbered.number);
         ended = next_ends rules so_far.all all args k arg begun ends ends2 lt is keeps so_far.ended capped.ends;

@@ -135,9 +135,10 @@ impl<'t> CapRows<'t> {
             by_root.now.rules (tree part.now) ends.old.items ends.new.items)) }
         ensures kept { OnOk result (KeepWords self.old.rows.rows.items self.new.rows.rows.items) }
     {
+        let mut words = Vec::new(alloc);
         let TermHash { hash, nodes } = TermHash::of(part);
         if nodes <= FEW_NODES {
-            self.cap_of(alloc, by_root, lefts, part, ends)?;
+            self.cap_of(alloc, by_root, lefts, part, &mut words, ends)?;
             return Ok(());
         }
         if let Some(known) = self.known_ends(hash, part) {
@@ -145,7 +146,7 @@ impl<'t> CapRows<'t> {
             return Ok(());
         }
         let mut found = Vec::new(alloc);
-        self.cap_of(alloc, by_root, lefts, part, &mut found)?;
+        self.cap_of(alloc, by_root, lefts, part, &mut words, &mut found)?;
         ends.extend_from_slice(&found)?;
         self.parts.insert(hash, KnownPart { part, ends: found })?;
         Ok(())
@@ -166,13 +167,14 @@ impl<'t> CapRows<'t> {
     }
 
     /// The cap of a term, whose variables are not fixed. The subterms with a defined root are put
-    /// behind the ends, in preorder.
+    /// behind the ends, in preorder. The keys are made behind the words, which stay as they are.
     fn cap_of(
         &mut self,
         alloc: Global,
         by_root: &RulesByRoot,
         lefts: &[Option<usize>],
         t: &Term,
+        words: &mut Vec<u64>,
         ends: &mut Vec<End>,
     ) -> Result<NumberedCap, OutOfMemory>
         requires { HaveSameLefts by_root.now.rules lefts.now }
@@ -181,6 +183,7 @@ impl<'t> CapRows<'t> {
             by_root.now.rules (tree t.now) found ends.old.items ends.new.items)) }
         ensures kept { OnOk result (KeepWords self.old.rows.rows.items self.new.rows.rows.items) }
         ensures longer { OnOk result (length ends.old.items ≤ length ends.new.items) }
+        ensures words { OnOk result (words.new.items ≡ words.old.items) }
     {
         match t {
             Term::Var(_) => Ok(NumberedCap {
@@ -191,15 +194,16 @@ impl<'t> CapRows<'t> {
             Term::App(f, args) => {
                 let place = begin(by_root, *f, ends)?;
                 let mut parts = Vec::with_capacity(alloc, args.items.len())?;
-                let mut key = Vec::with_capacity(alloc, args.items.len().saturating_add(1))?;
-                key.push(u64::from(*f))?;
+                let start = words.len();
+                words.push(u64::from(*f))?;
                 for arg in &args.items {
-                    let part = self.cap_of(alloc, by_root, lefts, arg, ends)?;
+                    let part = self.cap_of(alloc, by_root, lefts, arg, words, ends)?;
                     let NumberedCap { cap, number, .. } = part;
                     parts.push(cap)?;
-                    key.push(u64::from(number))?;
+                    words.push(u64::from(number))?;
                 }
-                let found = self.close(alloc, by_root, lefts, *f, parts, key)?;
+                let found = self.close(alloc, by_root, lefts, *f, parts, &words[start..])?;
+                words.truncate(start);
                 finish(place, *f, found.whole, ends);
                 Ok(found)
             }
@@ -217,13 +221,13 @@ impl<'t> CapRows<'t> {
         lefts: &[Option<usize>],
         f: u32,
         parts: Vec<Cap>,
-        key: Vec<u64>,
+        key: &[u64],
     ) -> Result<NumberedCap, OutOfMemory>
         requires { HaveSameLefts by_root.now.rules lefts.now }
         ensures cap { (all : List HoledTree) (t : Tree)
             → AreCaps by_root.now.rules lefts.now self.old all
             → IsWhole by_root.now.rules false t (symbol f (holed_all parts.items))
-            → HasKey all (symbol f (holed_all parts.items)) key.items
+            → HasKey all (symbol f (holed_all parts.items)) key.now
             → IfOk result (λ found. AreMore by_root.now.rules lefts.now self.new all
             (IsNumbered by_root.now.rules t found)) }
         ensures kept { OnOk result (KeepWords self.old.rows.rows.items self.new.rows.rows.items) }
@@ -252,20 +256,21 @@ impl<'t> CapRows<'t> {
         lefts: &[Option<usize>],
         f: u32,
         cap: &Cap,
-        key: Vec<u64>,
+        key: &[u64],
     ) -> Result<u32, OutOfMemory>
         requires lefts { HaveSameLefts by_root.now.rules lefts.now }
         requires root { HasRoot f (holed cap.now) }
         ensures number { (all : List HoledTree) → AreCaps by_root.now.rules lefts.now self.old all
-            → HasKey all (holed cap.now) key.items
+            → HasKey all (holed cap.now) key.now
             → IfOk result (λ n. AreMore by_root.now.rules lefts.now self.new all
             (λ grown. slice_get grown n ≡ Some (holed cap.now))) }
         ensures kept { OnOk result (KeepWords self.old.rows.rows.items self.new.rows.rows.items) }
     {
-        if let Some(number) = self.keys.find(&key) {
+        if let Some(number) = self.keys.find(key) {
             return Ok(number);
         }
         let row = row_of(alloc, by_root, lefts, &self.noted, f, cap)?;
+        let key = Vec::from_slice(alloc, key)?;
         self.add(alloc, key, row)
     }
 
