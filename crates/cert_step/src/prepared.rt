@@ -1,4 +1,4 @@
-ghost use Rattle.std.specs.Prelude.{◌≡◌, List, IfOk, IfErr};
+ghost use Rattle.std.specs.Prelude.{◌≡◌, List, IfOk, IfErr, IfSome};
 ghost use Rattle.pair_theory.specs.DependencyPair.{dependency_pairs};
 ghost use Rattle.rewrite_core.specs.Check.{RefusedFor};
 ghost use Rattle.cert_step.specs.ProofProblem.{ProofProblem, problem_of, Holds, IsWellMadeProblem};
@@ -7,6 +7,7 @@ ghost use Rattle.cert_step.specs.Applies.{Applies, DoesApply};
 ghost use Rattle.cert_step.specs.Refused.{IsStepRefused};
 ghost use Rattle.cert_step.specs.Subproblems.{AllHold, AreWellMadeProblems};
 ghost use Rattle.cert_step.specs.Subproblems.{GivesSubproblems, problems_of};
+ghost use Rattle.cert_step.specs.Table.{contents};
 
 use crate::apply::{check, keeps_system};
 use crate::known::left_by_known;
@@ -55,19 +56,56 @@ impl<'t, 'a> Prepared<'t, 'a> {
         }
     }
 
-    /// Looks into tables that are lent.
-    pub fn over(trs: &'a Trs, pairs: &'t Pairs<'a>, graph: &'t PairGraph<'a>) -> Prepared<'t, 'a>
-        requires pairs { pairs.now ≡ dependency_pairs trs.now.rules }
-        requires graph { graph.now ≡ trs.now }
+    /// Looks into the tables that are lent. One that is not is made when a step first looks into it.
+    pub fn over(
+        trs: &'a Trs,
+        pairs: Option<&'t Pairs<'a>>,
+        graph: Option<&'t PairGraph<'a>>,
+    ) -> Prepared<'t, 'a>
+        requires pairs { IfSome pairs (λ pairs. pairs.now ≡ dependency_pairs trs.now.rules) }
+        requires graph { IfSome graph (λ graph. graph.now ≡ trs.now) }
         ensures { result ≡ trs.now }
     {
         Prepared {
             trs,
             tables: Tables {
-                pairs: Some(Table::Lent(pairs)),
-                graph: Some(Table::Lent(graph)),
+                pairs: pairs.map(Table::Lent),
+                graph: graph.map(Table::Lent),
             },
         }
+    }
+
+    /// Takes the dependency pairs out, which are made where they are not there. To be put back, so
+    /// that they are made once.
+    pub fn take_pairs(&mut self, alloc: Global) -> Result<Table<'t, Pairs<'a>>, OutOfMemory>
+        ensures system { self.new ≡ self.old }
+        ensures pairs { IfOk result (λ pairs. contents pairs ≡ dependency_pairs self.old.rules) }
+    {
+        self.tables.take_pairs(alloc, self.trs)
+    }
+
+    /// Puts the dependency pairs back.
+    pub fn put_pairs(&mut self, pairs: Table<'t, Pairs<'a>>)
+        requires { contents pairs ≡ dependency_pairs self.old.rules }
+        ensures { self.new ≡ self.old }
+    {
+        self.tables.pairs = Some(pairs);
+    }
+
+    /// Takes the graph of the pairs out, as `take_pairs` does the pairs.
+    pub fn take_graph(&mut self, alloc: Global) -> Result<Table<'t, PairGraph<'a>>, OutOfMemory>
+        ensures system { self.new ≡ self.old }
+        ensures graph { IfOk result (λ graph. contents graph ≡ self.old) }
+    {
+        self.tables.take_graph(alloc, self.trs)
+    }
+
+    /// Puts the graph back.
+    pub fn put_graph(&mut self, graph: Table<'t, PairGraph<'a>>)
+        requires { contents graph ≡ self.old }
+        ensures { self.new ≡ self.old }
+    {
+        self.tables.graph = Some(graph);
     }
 
     /// The subproblems that a step leaves of a problem, as `apply_step` answers them.

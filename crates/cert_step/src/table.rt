@@ -3,14 +3,14 @@ ghost use Rattle.cert_step.specs.Table.{contents};
 
 /// A table of a system: made here, or lent by who made it.
 #[derive(Drop)]
-pub(crate) enum Table<'t, T> {
+pub enum Table<'t, T> {
     Made(T),
     Lent(&'t T),
 }
 
 impl<'t, T> Table<'t, T> {
     /// The table, whoever made it.
-    pub(crate) fn get(&self) -> &T
+    pub fn get(&self) -> &T
         ensures { result.now ≡ contents self.now }
     {
         match self {

@@ -14,7 +14,7 @@ AreKnownPeaks system (Listed found) = ListsPeaks system.rules (Ok found.list.ite
 AreKnownPeaks system PastLimit = (fault : PeakFault) × ListsPeaks system.rules (Err fault)
 
 -- the pairs, the graph and the peaks, where they are there, are of the system
-pub record AreTablesOf (system : System) (pairs : List DependencyPair) (graph : System) (peaks : Option KnownPeaks) : Type 0 where
-  pub pairs_are : pairs ≡ dependency_pairs system.rules
-  pub graph_is : graph ≡ system
+pub record AreTablesOf (system : System) (pairs : Option (List DependencyPair)) (graph : Option System) (peaks : Option KnownPeaks) : Type 0 where
+  pub pairs_are : IfSome pairs (λ pairs. pairs ≡ dependency_pairs system.rules)
+  pub graph_is : IfSome graph (λ graph. graph ≡ system)
   pub peaks_are : IfSome peaks (AreKnownPeaks system)

@@ -9,7 +9,7 @@ ghost use Rattle.strategies.specs.Truth.{AreTrueFindings};
 
 use crate::found::leaving;
 use crate::{Findings, Strategy};
-use cert_step::{GraphItem, PairGraph, Prepared, Problem, Step, components_pass};
+use cert_step::{GraphItem, Prepared, Problem, Step, components_pass};
 use std::alloc::Global;
 use trs_core::{OutOfMemory, Trs};
 
@@ -17,11 +17,9 @@ use trs_core::{OutOfMemory, Trs};
 pub(crate) fn search_graph(
     alloc: Global,
     trs: &Trs,
-    graph: &PairGraph,
     prepared: &mut Prepared,
     problem: &Problem,
 ) -> Result<Findings, OutOfMemory>
-    requires graph { graph.now ≡ trs.now }
     requires prepared { prepared.old ≡ trs.now }
     requires pairs { IsTrue (for_pairs (problem_of problem.now)) }
     requires well_made { IsWellMadeProblem trs.now (problem_of problem.now) }
@@ -32,7 +30,10 @@ pub(crate) fn search_graph(
     let Problem::Dp(numbers) = problem else {
         unreachable!()
     };
-    let items = graph.components(alloc, numbers)?;
+    let graph = prepared.take_graph(alloc)?;
+    let found = graph.get().components(alloc, numbers);
+    prepared.put_graph(graph);
+    let items = found?;
     if is_all(&items, numbers) {
         return Ok(Findings::NotThere);
     }

@@ -53,13 +53,11 @@ pub(crate) trait SearchOnPairs {
 pub(crate) fn search_on_pairs<S: SearchOnPairs, P: Stop>(
     alloc: Global,
     trs: &Trs,
-    pairs: &Pairs,
     prepared: &mut Prepared,
     problem: &Problem,
     budget: u64,
     stop: &mut P,
 ) -> Result<Searched, OutOfMemory>
-    requires pairs { pairs.now ≡ dependency_pairs trs.now.rules }
     requires prepared { prepared.old ≡ trs.now }
     requires on_pairs { IsTrue (for_pairs (problem_of problem.now)) }
     requires well_made { IsWellMadeProblem trs.now (problem_of problem.now) }
@@ -71,7 +69,10 @@ pub(crate) fn search_on_pairs<S: SearchOnPairs, P: Stop>(
     let Problem::Dp(numbers) = problem else {
         unreachable!()
     };
-    match S::find(alloc, trs, pairs, numbers, budget, stop)? {
+    let pairs = prepared.take_pairs(alloc)?;
+    let searched = S::find(alloc, trs, pairs.get(), numbers, budget, stop);
+    prepared.put_pairs(pairs);
+    match searched? {
         Search::Found(found) => {
             let findings = leaving(alloc, prepared, problem, S::into_step(found))?;
             Ok(Searched::Ended(findings))

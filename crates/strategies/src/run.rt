@@ -47,7 +47,7 @@ pub fn run_strategy<'a, P: Stop>(
     ensures stopped { IfOk result (IfStopped (P.stops stop.old < P.stops stop.new)) }
     ensures continues { Continues P.Stop stop.old stop.new }
 {
-    let tables = Tables::new(alloc, trs)?;
+    let tables = Tables::new(trs);
     let mut searcher = Searcher::new(&tables);
     searcher.run(alloc, problem, strategy, limits, stop)
 }
@@ -72,30 +72,23 @@ pub(crate) fn search<P: Stop>(
     ensures prepared { prepared.new ≡ trs.now }
     ensures continues { Continues P.Stop stop.old stop.new }
 {
-    let pairs = tables.pairs();
     match strategy {
         Strategy::Dp => ending(search_dp(alloc, trs, prepared, problem)),
-        Strategy::Graph => ending(search_graph(alloc, trs, tables.graph(), prepared, problem)),
+        Strategy::Graph => ending(search_graph(alloc, trs, prepared, problem)),
         Strategy::Subterm => {
-            search_on_pairs::<Projections, P>(alloc, trs, pairs, prepared, problem, budget, stop)
+            search_on_pairs::<Projections, P>(alloc, trs, prepared, problem, budget, stop)
         }
         Strategy::Poly => {
-            search_on_pairs::<Interpretations, P>(
-                alloc, trs, pairs, prepared, problem, budget, stop,
-            )
+            search_on_pairs::<Interpretations, P>(alloc, trs, prepared, problem, budget, stop)
         }
         Strategy::Lpo => {
-            search_on_pairs::<PathOrders, P>(alloc, trs, pairs, prepared, problem, budget, stop)
+            search_on_pairs::<PathOrders, P>(alloc, trs, prepared, problem, budget, stop)
         }
         Strategy::Kbo => {
-            search_on_pairs::<KnuthBendixOrders, P>(
-                alloc, trs, pairs, prepared, problem, budget, stop,
-            )
+            search_on_pairs::<KnuthBendixOrders, P>(alloc, trs, prepared, problem, budget, stop)
         }
         Strategy::Usable => {
-            search_on_pairs::<UsableInterpretations, P>(
-                alloc, trs, pairs, prepared, problem, budget, stop,
-            )
+            search_on_pairs::<UsableInterpretations, P>(alloc, trs, prepared, problem, budget, stop)
         }
         Strategy::Loop => search_loop(alloc, trs, budget, stop),
         Strategy::Confluence => ending(search_confluence(alloc, trs, prepared, problem)),

@@ -16,7 +16,8 @@ use std::alloc::Global;
 use std::marker::Model;
 use trs_core::OutOfMemory;
 
-/// What runs strategies on a system, over tables that it was lent. Contracts see the system.
+/// What runs strategies on a system, over tables that it was lent. What of the pairs these have not,
+/// it makes once. Contracts see the system.
 #[derive(Drop)]
 pub struct Searcher<'t, 'a> {
     tables: &'t Tables<'a>,

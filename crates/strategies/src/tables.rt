@@ -8,13 +8,13 @@ use std::alloc::Global;
 use std::marker::Model;
 use trs_core::{OutOfMemory, Trs};
 
-/// What strategies look up in a system: its dependency pairs, their graph and, where they were asked
-/// for, its critical peaks. They are made once, and lent to all who search. Contracts see the system.
+/// What strategies look up in a system, as far as it is made ahead: its dependency pairs, their
+/// graph and its critical peaks. It is lent to all who search. Contracts see the system.
 #[derive(Drop)]
 pub struct Tables<'a> {
     trs: &'a Trs,
-    pairs: Pairs<'a>,
-    graph: PairGraph<'a>,
+    pairs: Option<Pairs<'a>>,
+    graph: Option<PairGraph<'a>>,
     peaks: Option<KnownPeaks<'a>>,
 }
 
@@ -32,25 +32,35 @@ impl<'a> Model for Tables<'a> {
 }
 
 impl<'a> Tables<'a> {
-    /// The pairs and their graph. A strategy on critical peaks lists the peaks each time that it runs.
-    pub fn new(alloc: Global, trs: &'a Trs) -> Result<Tables<'a>, OutOfMemory>
-        ensures { IfOk result (λ tables. tables ≡ trs.now) }
+    /// Nothing is made ahead. Who searches makes the pairs and their graph when a strategy first
+    /// needs them; a strategy on critical peaks lists the peaks each time that it runs.
+    pub fn new(trs: &'a Trs) -> Tables<'a>
+        ensures { result ≡ trs.now }
     {
-        Ok(Tables {
+        Tables {
             trs,
-            pairs: Pairs::new(alloc, trs)?,
-            graph: PairGraph::new(alloc, trs)?,
+            pairs: None,
+            graph: None,
             peaks: None,
-        })
+        }
     }
 
-    /// The pairs, their graph and the critical peaks.
+    /// The critical peaks alone.
     pub fn with_peaks(alloc: Global, trs: &'a Trs) -> Result<Tables<'a>, OutOfMemory>
         ensures { IfOk result (λ tables. tables ≡ trs.now) }
     {
-        let mut tables = Tables::new(alloc, trs)?;
+        let mut tables = Tables::new(trs);
         tables.peaks = Some(known_peaks(alloc, trs)?);
         Ok(tables)
+    }
+
+    /// Adds the pairs and their graph, so that those who search need not each make them.
+    pub fn add_pairs(&mut self, alloc: Global) -> Result<(), OutOfMemory>
+        ensures { self.new ≡ self.old }
+    {
+        self.pairs = Some(Pairs::new(alloc, self.trs)?);
+        self.graph = Some(PairGraph::new(alloc, self.trs)?);
+        Ok(())
     }
 
     /// The system.
@@ -60,21 +70,21 @@ impl<'a> Tables<'a> {
         self.trs
     }
 
-    /// The dependency pairs.
-    pub(crate) fn pairs(&self) -> &Pairs<'a>
-        ensures { result.now ≡ dependency_pairs self.now.rules }
+    /// The dependency pairs, where they are made ahead.
+    pub(crate) fn pairs(&self) -> Option<&Pairs<'a>>
+        ensures { IfSome result (λ pairs. pairs.now ≡ dependency_pairs self.now.rules) }
     {
-        &self.pairs
+        self.pairs.as_ref()
     }
 
-    /// Their graph.
-    pub(crate) fn graph(&self) -> &PairGraph<'a>
-        ensures { result.now ≡ self.now }
+    /// Their graph, where it is made ahead.
+    pub(crate) fn graph(&self) -> Option<&PairGraph<'a>>
+        ensures { IfSome result (λ graph. graph.now ≡ self.now) }
     {
-        &self.graph
+        self.graph.as_ref()
     }
 
-    /// The critical peaks, where they were asked for.
+    /// The critical peaks, where they are made ahead.
     pub(crate) fn peaks(&self) -> Option<&KnownPeaks<'a>>
         ensures { IfSome result (λ peaks. AreKnownPeaks self.now peaks.now) }
     {

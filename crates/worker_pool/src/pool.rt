@@ -10,7 +10,7 @@ ghost use Rattle.worker_pool.specs.Shared.{Opens};
 use crate::Finished;
 use crate::gate::Gate;
 use crate::shared::SharedTree;
-use crate::tables::tables_for;
+use crate::tables::shared_tables;
 use crate::worker::{Worker, work};
 use std::alloc::Global;
 use std::sync::Wait;
@@ -38,7 +38,7 @@ pub fn prove_with<'a, R: Threads + Wait + Sync, G: Gate>(
     ensures budget { IfOk result (λ f. f.budget ≡ limits.budget) }
     ensures verdict { IfOk result (λ f. HasVerdict (goal_count question) f.state) }
 {
-    let tables = tables_for(alloc, question, trs)?;
+    let tables = shared_tables(alloc, question, trs)?;
     let shared = SharedTree::new(alloc, question, trs, limits)?;
     let Ok((lock, seat)) = TurnLock::new(alloc, shared, workers) else {
         return Err(OutOfMemory);
