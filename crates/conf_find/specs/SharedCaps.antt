@@ -1,12 +1,13 @@
 -- Caps that are kept by numbers, each over caps with lower numbers.
-use Rattle.std.specs.Prelude.{◌≡◌, ◌≤◌, ◌<◌, ℕ, Bool, false, List, [], ◌∷◌, ◌++◌, All, Some, map, length, slice_get, slice_index_or}
+use Rattle.std.specs.Prelude.{◌≡◌, ◌≤◌, ◌<◌, ℕ, Bool, true, false, List, [], ◌∷◌, ◌++◌, All, Some, map, length, slice_get, slice_index_or}
 use Rattle.std.specs.Ordering.{nat_cmp}
-use Rattle.std.specs.BTreeMap.{BTreeMap, get}
+use Rattle.std.specs.BTreeMap.{get}
 use Rattle.trs_defs.specs.Tree.{Tree}
 use Rattle.trs_defs.specs.Substitution.{apply}
 use Rattle.trs_caps.specs.HoledTree.{HoledTree, HoledTrees, hole, own, symbol, holed_trees, Fits}
 use Rattle.conf_find.specs.declared.cap_node.CapNode.{CapNode}
 use Rattle.conf_find.specs.declared.cap_node.CapNode.TheVariants.{Open, Own, Symbol}
+use Rattle.conf_find.specs.declared.first_parts.FirstParts.{FirstParts}
 
 -- the cap of a number that is there
 abbrev pub cap_at : List HoledTree → ℕ → HoledTree
@@ -43,13 +44,17 @@ pub record KeepsCaps (old new : List HoledTree) : Type 0 where
   pub kept : (k : ℕ) → k < length old → cap_at new k ≡ cap_at old k
 
 -- the numbers that are noted of variables are there
-abbrev pub AreFirsts : List HoledTree → BTreeMap ℕ ℕ → Type 0
-AreFirsts caps firsts = (v k : ℕ) → get nat_cmp firsts v ≡ Some k → k < length caps
+abbrev pub AreFirsts : List HoledTree → FirstParts → Type 0
+AreFirsts caps firsts = (v k : ℕ) → get nat_cmp firsts.numbers v ≡ Some k → k < length caps
 
 -- the terms of the variables fit the caps that are noted of them
-abbrev pub FitFirsts : List HoledTree → BTreeMap ℕ ℕ → (ℕ → Tree) → Type 0
-FitFirsts caps firsts τ = (v k : ℕ) → get nat_cmp firsts v ≡ Some k → Fits (cap_at caps k) (τ v)
+abbrev pub FitFirsts : List HoledTree → FirstParts → (ℕ → Tree) → Type 0
+FitFirsts caps firsts τ = (v k : ℕ) → get nat_cmp firsts.numbers v ≡ Some k → Fits (cap_at caps k) (τ v)
 
 -- where an instance of l fits the cap, with terms that fit what was noted, no difference is seen, and its terms fit what is noted now
-pub record StillFits (caps : List HoledTree) (c : HoledTree) (l : Tree) (old new : BTreeMap ℕ ℕ) (differs : Bool) : Type 0 where
+pub record StillFits (caps : List HoledTree) (c : HoledTree) (l : Tree) (old new : FirstParts) (differs : Bool) : Type 0 where
   pub each : (τ : ℕ → Tree) → FitFirsts caps old τ → Fits c (apply τ l) → (differs ≡ false) × FitFirsts caps new τ
+
+-- where no difference is seen, and what is noted now is all, so it was before, and terms that fit it fitted what was noted, and make an instance of l that fits the cap
+pub record Suffices (caps : List HoledTree) (c : HoledTree) (l : Tree) (old new : FirstParts) (differs : Bool) : Type 0 where
+  pub each : differs ≡ false → new.are_all ≡ true → (old.are_all ≡ true) × ((τ : ℕ → Tree) → FitFirsts caps new τ → FitFirsts caps old τ × Fits c (apply τ l))

@@ -4,12 +4,12 @@ ghost use Rattle.trs_defs.specs.Tree.{Trees, app, var};
 ghost use Rattle.trs_core.specs.View.{tree};
 ghost use Rattle.trs_caps.specs.HoledCap.{IsHoledCap, AreHoledCaps, HasRoot, MeetsLeft, MeetsSome};
 ghost use Rattle.conf_find.specs.SharedCaps.{cap_at, parts_at, KeepsCaps};
-ghost use Rattle.conf_find.specs.SharedCaps.{AreFirsts, StillFits};
+ghost use Rattle.conf_find.specs.SharedCaps.{AreFirsts, StillFits, Suffices};
 
 use crate::cap_node::CapNode;
+use crate::first_parts::FirstParts;
 use crate::shared_caps::SharedCaps;
 use std::alloc::Global;
-use std::collections::BTreeMap;
 use term_pool::RulesByRoot;
 use trs_core::{OutOfMemory, Rule, Term};
 
@@ -69,14 +69,17 @@ impl SharedCaps {
     }
 
     /// Whether a cap unifies with a term, renamed apart. It is made anew only where the two are not
-    /// seen to differ.
+    /// seen to differ, and the parts at some variable are kept by more than one number.
     fn meets(&self, alloc: Global, k: u32, left: &Term) -> Result<bool, OutOfMemory>
         requires { k < length self.now }
         ensures { IfOk result (λ yes. IsTrue yes ↔ MeetsLeft (cap_at self.now k) (tree left.now)) }
     {
-        let mut firsts = BTreeMap::new(alloc);
+        let mut firsts = FirstParts::new(alloc);
         if self.differs(k, left, &mut firsts)? {
             return Ok(false);
+        }
+        if firsts.are_all {
+            return Ok(true);
         }
         let cap = self.cap(alloc, k)?;
         cap.meets(alloc, left)
@@ -84,16 +87,13 @@ impl SharedCaps {
 
     /// Whether a cap and a term are seen to differ, at a place or by the parts of the cap that stand
     /// at one variable. The first of these parts is noted.
-    fn differs(
-        &self,
-        k: u32,
-        left: &Term,
-        firsts: &mut BTreeMap<u32, u32>,
-    ) -> Result<bool, OutOfMemory>
+    fn differs(&self, k: u32, left: &Term, firsts: &mut FirstParts) -> Result<bool, OutOfMemory>
         requires there { k < length self.now }
         requires firsts { AreFirsts self.now firsts.old }
         ensures fits { IfOk result (
             StillFits self.now (cap_at self.now k) (tree left.now) firsts.old firsts.new) }
+        ensures suffices { IfOk result (
+            Suffices self.now (cap_at self.now k) (tree left.now) firsts.old firsts.new) }
         ensures firsts { OnOk result (AreFirsts self.now firsts.new) }
     {
         match (left, self.node(k)) {
@@ -121,18 +121,21 @@ impl SharedCaps {
         &self,
         v: u32,
         k: u32,
-        firsts: &mut BTreeMap<u32, u32>,
+        firsts: &mut FirstParts,
     ) -> Result<bool, OutOfMemory>
         requires there { k < length self.now }
         requires firsts { AreFirsts self.now firsts.old }
         ensures fits { IfOk result (
             StillFits self.now (cap_at self.now k) (var v) firsts.old firsts.new) }
+        ensures suffices { IfOk result (
+            Suffices self.now (cap_at self.now k) (var v) firsts.old firsts.new) }
         ensures firsts { OnOk result (AreFirsts self.now firsts.new) }
     {
-        if let Some(first) = firsts.get(&v) {
+        if let Some(first) = firsts.numbers.get(&v) {
+            firsts.are_all = firsts.are_all && *first == k;
             return Ok(self.clashes(*first, k));
         }
-        firsts.insert(v, k)?;
+        firsts.numbers.insert(v, k)?;
         Ok(false)
     }
 }

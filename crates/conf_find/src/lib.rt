@@ -9,6 +9,7 @@ mod cap_node;
 mod caps;
 mod endings;
 mod first_fork;
+mod first_parts;
 mod fork;
 mod forks;
 mod laws;

@@ -4,12 +4,16 @@ use Rattle.trs_core.specs.View.{tree, forest}
 use Rattle.term_pool.proofs.MatchSteps.{read_again}
 use Rattle.trs_caps.specs.HoledTree.{symbol}
 use Rattle.conf_find.specs.SharedCaps.{cap_at, parts_at, node_cap}
-use Rattle.conf_find.proofs.CapMeets.{open_fits, own_differs, heads_differ, all_left, fits_further, argument_differs, none_differs}
+use Rattle.conf_find.proofs.CapMeets.{open_fits, hole_suffices, own_differs, heads_differ, all_left, fits_further, argument_differs, none_differs, all_suffice, suffices_further, all_suffices}
 use Rattle.conf_find.proofs.shared_caps.SharedCaps.+differs.Goals.{then-f-g-via-then-f-g, then-f-g-via-else-f-g+then-len-caps}
 use Rattle.conf_find.proofs.shared_caps.SharedCaps.+differs.Goals as goal
 
 pub returns-in_default-Open-clause-fits : goal.returns-in_default-Open-clause-fits
 returns-in_default-Open-clause-fits t c = open_fits c.args.self.now (cap_at c.args.self.now c.args.k) (tree c.args.left.now) c.args.firsts.now
+
+pub returns-in_default-Open-clause-suffices : goal.returns-in_default-Open-clause-suffices
+returns-in_default-Open-clause-suffices t c =
+    hole_suffices c.args.self.now (cap_at c.args.self.now c.args.k) (tree c.args.left.now) c.args.firsts.now (c.node.ensures.is ∙ ap (node_cap c.args.self.now) c.in_default-Open.is-1)
 
 pub returns-in-App-Own-clause-fits : goal.returns-in-App-Own-clause-fits
 returns-in-App-Own-clause-fits t c =
@@ -36,6 +40,7 @@ loop-i-init t c =
     record {
       as_long = omega (arith, c.args-in-App-Symbol.inside.items.ok.0);
       fits = all_left self (cap_at self c.args.k) (tree c.args.left.now) c.args.firsts.now a.f a.g c.as_slice-caps.result.now c.deref-arg-items.result.now (rw c.as_slice-caps.ensures.value cap) left;
+      suffices = all_suffice self (cap_at self c.args.k) (tree c.args.left.now) c.args.firsts.now a.f a.g c.as_slice-caps.result.now c.deref-arg-items.result.now (rw c.as_slice-caps.ensures.value cap) left c.if-f-g.false;
       firsts = c.requires.firsts;
     }
 
@@ -54,9 +59,16 @@ loop-i-preserved t c =
       as_long = h.as_long;
       fits = fits_further self (cap_at self c.args.k) (tree c.args.left.now) c.args.firsts.now c.loop-i.firsts c.differs.new.firsts c.as_slice-caps.result.now c.deref-arg-items.result.now c.loop-i.i _ _ _
           c.loop-i-test.true h.as_long (read_again c.as_slice-caps.result.now c.loop-i.i (omega (arith, c.loop-i-test.true, h.as_long))) c.arg-item.is h.fits c.in_ok-differs-in-App-Symbol.ensures.fits;
+      suffices = suffices_further self (cap_at self c.args.k) (tree c.args.left.now) c.args.firsts.now c.loop-i.firsts c.differs.new.firsts c.as_slice-caps.result.now c.deref-arg-items.result.now c.loop-i.i _ _
+          c.loop-i-test.true h.as_long (read_again c.as_slice-caps.result.now c.loop-i.i (omega (arith, c.loop-i-test.true, h.as_long))) c.arg-item.is h.suffices (rw c.if-branch.false at c.in_ok-differs-in-App-Symbol.ensures.suffices);
       firsts = c.in_ok-differs-in-App-Symbol.ensures.firsts;
     }
 
 pub returns-after-loop-i-clause-fits : goal.returns-after-loop-i-clause-fits
 returns-after-loop-i-clause-fits t c =
     none_differs c.args.self.now (cap_at c.args.self.now c.args.k) (tree c.args.left.now) c.args.firsts.now c.loop-i.firsts _ _ c.loop-i.invariant.fits
+
+pub returns-after-loop-i-clause-suffices : goal.returns-after-loop-i-clause-suffices
+returns-after-loop-i-clause-suffices t c =
+    let h = c.loop-i.invariant in
+    all_suffices c.args.self.now (cap_at c.args.self.now c.args.k) (tree c.args.left.now) c.args.firsts.now c.loop-i.firsts c.as_slice-caps.result.now c.deref-arg-items.result.now c.loop-i.i (omega (arith, c.loop-i-test.false)) h.as_long h.suffices
