@@ -1,5 +1,5 @@
 -- The first pair of marks that are parted is that of the terms.
-use Rattle.std.specs.Prelude.{◌≡◌, ◌<◌, ◌↔◌, ℕ, List, Some, slice_get, refl}
+use Rattle.std.specs.Prelude.{◌≡◌, ◌<◌, ◌↔◌, ℕ, List, Some, slice_get}
 use Rattle.trs_defs.proofs.Members.{in_of_get, get_of_in}
 use Rattle.term_pool.specs.Listed.{Listed}
 use Rattle.join_find.specs.First.{First, Some_in, None_in, Along}

@@ -16,11 +16,11 @@ take_over-requires-clause-known g c = c.requires.sides.ids
 
 pub returns-then-has-clause-sides : goal.returns-then-has-clause-sides
 returns-then-has-clause-sides g c =
-    reached_still c.args.by_root.now.rules c.args.from.now c.args.self.now c.requires.sides c.take_over.new.self c.take_over.new.known_ids c.in_ok-id.ensures.known c.in_ok-id.ensures.kept
+    reached_still c.args.by_root.now.rules c.args.from.now c.args.self.now c.requires.sides c.take_over.new.self c.take_over.new.known c.in_ok-id.ensures.known c.in_ok-id.ensures.kept
 
 pub returns-then-has-clause-marks : goal.returns-then-has-clause-marks
 returns-then-has-clause-marks g c =
-    marks_still g.M.Marks.has_mark g.M.Marks.of_pool c.args.by_root.now.rules c.args.self.now c.args.marks.now c.requires.marks c.take_over.new.self c.take_over.new.known_ids c.last.ensures c.in_ok-id.ensures.kept
+    marks_still g.M.Marks.has_mark g.M.Marks.of_pool c.args.by_root.now.rules c.args.self.now c.args.marks.now c.requires.marks c.take_over.new.self c.take_over.new.known c.last.ensures c.in_ok-id.ensures.kept
 
 pub reach-requires : goal.reach-requires
 reach-requires g c = record {
@@ -46,15 +46,15 @@ returns-clause-id g c = c.in_ok-list.ensures.kept.kept c.in_ok-id.id (tree_at c.
 
 pub returns-clause-sides : goal.returns-clause-sides
 returns-clause-sides g c =
-    let ids = known_ids_on c.args.from.now c.take_over.new.self c.reach.new.pool c.take_over.new.known_ids c.in_ok-list.ensures.kept c.in_ok-id.ensures.known in
-    one_more_reached c.args.by_root.now.rules c.args.from.now c.args.self.now c.requires.sides c.reach.new.pool c.take_over.new.known_ids ids (grown g (goal.at.returns-clause-sides g c).In_ok-list)
+    let ids = known_ids_on c.args.from.now c.take_over.new.self c.reach.new.pool c.take_over.new.known c.in_ok-list.ensures.kept c.in_ok-id.ensures.known in
+    one_more_reached c.args.by_root.now.rules c.args.from.now c.args.self.now c.requires.sides c.reach.new.pool c.take_over.new.known ids (grown g (goal.at.returns-clause-sides g c).In_ok-list)
     c.reach.new.known c.put.new.self c.take_over.new.self c.in_ok-id.id c.in_ok-list.list.items (tree_at c.args.from.now c.args.side) c.in_ok-put.ensures c.in_ok-list.ensures.kept c.in_ok-id.ensures.id
     c.in_ok-list.ensures.list c.in_ok-list.ensures.there c.in_ok-list.ensures.known
 
 pub returns-clause-marks : goal.returns-clause-marks
 returns-clause-marks g c =
     let M : List Reached → Type 0 = λ es. AreMarkedIds g.M.Marks.has_mark c.mark_all.new.marks es in
-    one_more_marked g.M.Marks.has_mark g.M.Marks.of_pool c.args.by_root.now.rules c.args.self.now c.args.marks.now c.requires.marks c.reach.new.pool c.take_over.new.known_ids c.reach.new.known c.mark_all.new.marks c.put.new.self
+    one_more_marked g.M.Marks.has_mark g.M.Marks.of_pool c.args.by_root.now.rules c.args.self.now c.args.marks.now c.requires.marks c.reach.new.pool c.take_over.new.known c.reach.new.known c.mark_all.new.marks c.put.new.self
     c.in_ok-id.id c.in_ok-list.list.items c.in_ok-mark_all.ensures.still c.in_ok-mark_all.ensures.marks c.in_ok-put.ensures (subst M c.deref.ensures.value c.in_ok-mark_all.ensures.marked)
 
 pub returns-clause-kept : goal.returns-clause-kept
