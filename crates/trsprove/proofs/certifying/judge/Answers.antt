@@ -13,7 +13,7 @@ pub returns-in-Ok : goal.returns-in-Ok
 returns-in-Ok c =
     let named = c.in-Ok.proof.system in
     let says = proof_text_of c.in-Ok.proof.certificate in
-    IfOk-weaker c.write_proof.result (λ a. IsWritten named says c.args.wanted (status_of a) (text_of a)) (λ a. Verdict c.args.problem.now c.args.certificate.now c.args.wanted (status_of a) (text_of a)) (λ a. accepted named says c.in-Ok.ensures.accepted) c.write_proof.ensures
+    IfOk-weaker c.write_proof-answer.result (λ a. IsWritten named says c.args.wanted (status_of a) (text_of a)) (λ a. Verdict c.args.problem.now c.args.certificate.now c.args.wanted (status_of a) (text_of a)) (λ a. accepted named says c.in-Ok.ensures.accepted) c.write_proof-answer.ensures
 
 pub returns-in-Err-Problem : goal.returns-in-Err-Problem
 returns-in-Err-Problem c =
